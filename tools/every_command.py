@@ -14,6 +14,7 @@ import hashlib
 import hmac
 import random
 
+import parameters
 from crates import ROOT
 
 # The script of each profile, and its rounds.
@@ -66,6 +67,8 @@ USAGES = ("000000000000", "03000000ff00", "081fffffff00", "0a1fffffff00", "1201f
           "9102" + 12 * "ff" + "1f00", "9e10" + 8 * "00" + 4 * "ff" + "0000", "a000ff000000ffffffff0000",
           "a30c87ffffffffffffff0000")
 ACTIONS = {0x9E: 0x10, 0xA3: 0x0C}
+# bActiveICCLevel and bRefClkFreq, as a life begins.
+AS_IT_BEGINS = {idn: parameters.TABLE[parameters.ATTRIBUTE, idn].told for idn in (0x03, 0x0A)}
 # Faults of messages.
 SHORT, LENGTH, DIGEST, EHS, CODE, RESERVED, TAG_IN_USE, NOT_ASKED_FOR = 1, 2, 3, 4, 5, 6, 7, 8
 
@@ -140,6 +143,9 @@ class Script:
         self.printed = []
         self.blocks = [[0] * unit[0] for unit in UNITS]
         self.boot = self.permanent = self.power_on = 0
+        self.device = parameters.Device(profile, SERIAL, UNITS, CONFIG[3])
+        # What is written of attributes, and fBackgroundOpsEn, which last until the next power cycle.
+        self.attributes, self.background = dict(AS_IT_BEGINS), 1
         # The LUNs with an attention.
         self.attentions = set(LUNS) if profile else set()
         self.key = False
@@ -367,6 +373,13 @@ class Script:
         self.sets(0x81, 4, 0, value=boot, told=boot)
         self.boot = boot
 
+    def write_attribute(self, idn, value, index=0, selector=0):
+        """An attribute that is no setting is written, and tells the value from then on, if it keeps it."""
+        if idn in self.attributes:
+            self.attributes[idn] = value
+        row = parameters.TABLE[parameters.ATTRIBUTE, idn]
+        self.asks(0x81, 4, idn, index, selector, value=value, told=self.attributes.get(idn, row.told))
+
     # Task management, and other messages
 
     def manage(self, function, lun, meant, service):
@@ -375,6 +388,14 @@ class Script:
         self.reply(header(0x24, 0, lun, tag, fields=bytes([0, 0, 0, service])))
         if self.profile and function == 0x08 and lun in LUNS:
             self.attentions.add(lun)
+
+    def reset(self, kind):
+        """A LINK EVENT: each LUN has an attention after it, and the clock alone is as it was, with the protection that
+        the first kind ends."""
+        self.host(header(0x1F, five=kind))
+        self.attentions = set(LUNS)
+        self.attributes[0x03], self.background = AS_IT_BEGINS[0x03], 1
+        self.power_on = self.power_on if kind == 0x02 else 0
 
     def nop(self):
         tag = self.next_tag()
@@ -385,6 +406,7 @@ class Script:
         """A stop, and the mending after it, if anything is lost: what does not outlast it is gone."""
         self.line(f"stop {words}".strip(), "stop ok")
         self.power_on = 0
+        self.attributes, self.background = dict(AS_IT_BEGINS), 1
         self.attentions = set(LUNS) if self.profile else set()
         self.mend(rounds, is_mended)
         self.ready(0)
@@ -417,27 +439,6 @@ class Script:
         """A command that is refused for an attention, which ends by it."""
         self.refused(ATTENTION, lun, cdb, flags, expected)
         self.attentions.remove(lun)
-
-
-def device_descriptor(profile):
-    """The device descriptor of the configuration."""
-    told = ("40000000000003040101000000010000" + "0210" + 46 * "00",
-            "40000000000003040101017f00010100" + "0210112501020304" + "0000101020" + 4 * "00" + "200001" + 6 * "00"
-            + "05" + 21 * "00")
-    return bytes.fromhex(told[profile])
-
-
-def geometry():
-    """The geometry descriptor of the configuration."""
-    blocks = sum(unit[0] for unit in UNITS)
-    return bytes.fromhex("48070000" + big(8 * blocks, 8).hex() + "00" + "00000008" + "01" + "080808080808" + "0000"
-                         + "05" + "0000" + "01" + "8001" + 40 * "00")
-
-
-def unit_descriptor(unit):
-    blocks, boot, protect = UNITS[unit]
-    return (bytes([0x23, 2, unit, 1, boot, protect, 0, 0, 0, 1, 0x0C]) + big(blocks, 8) + big(1, 4) + b"\x03"
-            + big(blocks, 8) + bytes(3))
 
 
 def inquiry(first):
@@ -489,15 +490,13 @@ def ask_in_vain(script):
 
 
 def ask_by_queries(script):
-    """Each query that changes nothing, or is refused."""
+    """Each query of profile 0 that changes nothing, or is refused."""
     script.asks(0x01, 0)
-    data = device_descriptor(script.profile)
+    data = parameters.device_descriptor(script.device)
     script.asks(0x01, 1, 0, length=64, data=data)
     script.asks(0x01, 1, 0, length=8, data=data[:8])
-    if script.profile:
-        ask_of_geometry(script)
     for unit in range(len(UNITS)):
-        script.asks(0x01, 1, 2, unit, length=0x23, data=unit_descriptor(unit))
+        script.asks(0x01, 1, 2, unit, length=0x23, data=parameters.unit_descriptor(script.device, unit))
     script.asks(0x01, 3, 0, told=script.boot)
     for flag, value in ((1, 0), (2, script.permanent), (3, script.power_on)):
         script.asks(0x01, 5, flag, told=value)
@@ -508,18 +507,122 @@ def ask_by_queries(script):
     script.asks(0x01, 1, 0, code=0xF9)
     script.asks(0x81, 4, 0, value=3, code=0xFA)
     script.asks(0x01, 3, 0, 0, 1, code=0xFB)
-    script.asks(0x01, 1, 2, 5, length=0x23, code=0xFC)
+    script.asks(0x01, 1, 2, 8 if script.profile else 5, length=0x23, code=0xFC)
     script.asks(0x01, 1, 9, length=0x23, code=0xFD)
     script.asks(0x01, 9, code=0xFE)
     script.asks(0x81, 1, 0, length=64, code=0xFE)
 
 
-def ask_of_geometry(script):
-    """Queries of the geometry descriptor."""
-    script.asks(0x01, 1, 7, length=255, data=geometry())
-    script.asks(0x01, 1, 7, length=32, data=geometry()[:32])
-    script.asks(0x01, 1, 7, 1, length=72, code=0xFC)
-    script.asks(0x81, 2, 7, code=0xF7)
+def ask_in_no_place(script, function, opcode, idn, row):
+    """A query with an index, and with a selector, that names nothing; the selector is looked at last."""
+    indexes, selectors = parameters.indexes_of(row, 1, len(UNITS)), parameters.selectors_of(row)
+    others = {indexes[-1] + 1, max(it for it in indexes if it < parameters.RPMB) + 1, 255}
+    others |= {indexes[0] - 1} if indexes[0] else set()
+    for index in sorted(others):
+        script.asks(function, opcode, idn, index, 255, code=0xFC)
+    for selector in {selectors[-1] + 1, *([selectors[0] - 1] if selectors[0] else [])}:
+        script.asks(function, opcode, idn, indexes[0], selector, code=0xFB)
+    return indexes, selectors
+
+
+def ask_of_descriptors(script):
+    """Each descriptor whole and in part, written, and where there is none."""
+    for idn, row in parameters.rows_of(1, parameters.DESCRIPTOR).items():
+        indexes, _ = ask_in_no_place(script, 0x01, 1, idn, row)
+        for index in indexes:
+            data = parameters.descriptor(script.device, idn, index)
+            for length in (255, len(data), len(data) - 1, 2):
+                script.asks(0x01, 1, idn, index, length=length, data=data[:length])
+            script.asks(0x01, 1, idn, index, code=0xF9)
+            script.asks(0x81, 2, idn, index, length=len(data), code=0xF7)
+    ask_of_none(script, 1)
+
+
+def ask_of_none(script, opcode):
+    """Queries of what neither profile has."""
+    for idn in {*range(0x18), 0x80, 0xFF} - {*parameters.rows_of(1, parameters.CLASSES[opcode])}:
+        for it in (opcode, opcode + 1):
+            function = 0x01 if it in parameters.READS else 0x81
+            script.asks(function, it, idn, 255, 255, code=0xFD)
+            script.asks(function ^ 0x80, it, idn, 255, 255, code=0xFE)
+
+
+def ask_of_attributes(script):
+    """Each attribute is read and written, with the least and the greatest value and beyond them."""
+    for idn, row in parameters.rows_of(1, parameters.ATTRIBUTE).items():
+        if (4, idn) in parameters.SETTINGS:
+            continue
+        indexes, selectors = ask_in_no_place(script, 0x01, 3, idn, row)
+        ask_in_no_place(script, 0x81, 4, idn, row)
+        for index, selector in [(index, selector) for index in indexes for selector in (selectors[0], selectors[-1])]:
+            read_attribute(script, idn, row, index, selector)
+            write_attribute(script, idn, row, index, selector)
+    ask_of_none(script, 3)
+
+
+def read_attribute(script, idn, row, index, selector):
+    """What an attribute tells, if it is read at all."""
+    place = (0x01, 3, idn, index, selector)
+    if 3 in row.opcodes:
+        script.asks(*place, value=7, told=script.attributes.get(idn, row.told))
+        script.asks(*place, length=1, code=0xF9)
+    else:
+        script.asks(*place, length=1, code=0xF6)
+
+
+def write_attribute(script, idn, row, index, selector):
+    """Values that an attribute takes, each of which is told then, and others."""
+    place = (0x81, 4, idn, index, selector)
+    if 4 not in row.opcodes:
+        script.asks(*place, length=1, value=row.told, code=0xF7)
+        return
+    script.asks(*place, length=1, value=row.greatest, code=0xF9)
+    wrong = [] if row.greatest == parameters.LARGEST else [row.greatest + 1, 0x100 + row.least, parameters.LARGEST]
+    for value in wrong + ([row.least - 1] if row.least else []):
+        script.asks(*place, value=value, code=0xFA)
+    for value in (row.greatest, row.least, row.told):
+        if (4, idn) == parameters.LOCK_WRITTEN:
+            script.asks(*place, value=value, code=0xF8)
+        else:
+            script.write_attribute(idn, value, index, selector)
+            read_attribute(script, idn, row, index, selector)
+
+
+def ask_of_flags(script):
+    """Each flag is read, set, cleared and toggled."""
+    for idn, row in parameters.rows_of(1, parameters.FLAG).items():
+        ask_in_no_place(script, 0x01, 5, idn, row)
+        ask_in_no_place(script, 0x81, 8, idn, row)
+        for opcode in (5, 7, 5, 8, 5, 8, 6, 6, 5):
+            place = (0x01 if opcode == 5 else 0x81, opcode, idn)
+            if opcode not in row.opcodes:
+                script.asks(*place, length=1, code=0xF6 if opcode == 5 else 0xF7)
+            else:
+                script.asks(*place, length=1, code=0xF9)
+            if idn == 0x04:
+                script.background = {6: 1, 7: 0, 8: 1 - script.background}.get(opcode, script.background)
+                script.asks(*place, value=9, told=script.background)
+            elif opcode == 7 and 7 in row.opcodes:
+                script.asks(*place, told=0)
+                script.asks(0x01, 5, idn, told=0)
+            elif opcode == 5 and row.profile and 5 in row.opcodes:
+                script.asks(*place, told=row.told)
+    for opcode in (5, 7):
+        ask_of_none(script, opcode)
+
+
+def reset_link(script, kind):
+    """Values of attributes, a flag that is cleared, and a LINK EVENT: the clock is as it was, and all else as a life
+    begins."""
+    script.write_attribute(0x03, 9)
+    script.write_attribute(0x0A, 3)
+    script.asks(0x81, 7, 4, told=0)
+    script.reset(kind)
+    for idn in (0x03, 0x0A):
+        script.asks(0x01, 3, idn, told=script.attributes[idn])
+    script.asks(0x01, 5, 4, told=1)
+    script.asks(0x01, 5, 3, told=script.power_on)
+    script.greet()
 
 
 def move_blocks(script, number):
@@ -899,6 +1002,9 @@ def lock(script):
     script.told(0, [0x1D], b"", 0)
     for form in (6, 10):
         script.told(0, mode_sense(form, 0x08), modes(form, 0x08, 0x90), 64)
+    script.asks(0x81, 4, 0, value=1, code=0xFF)
+    script.write_attribute(0x0A, 2)
+    script.asks(0x81, 8, 4, told=0)
 
 
 def tell_round(script, number):
@@ -914,6 +1020,10 @@ def tell_round(script, number):
         ask_of_attentions(script)
         ask_with_attributes(script)
         ask_where_nothing_is(script)
+        script.note("Descriptors, attributes and flags, which are told, written, set, cleared and toggled.")
+        ask_of_descriptors(script)
+        ask_of_attributes(script)
+        ask_of_flags(script)
     if number % 4 == 0:
         ask_of_units(script)
         ask_in_vain(script)
@@ -939,6 +1049,8 @@ def play_round(script, number):
     set_and_boot(script, number)
     if script.profile:
         boot_more(script)
+        for kind in (0x02, 0x01):
+            reset_link(script, kind)
     script.note("A job that fails, and a stop.")
     fail_job(script, number)
     stop_here(script, number)
@@ -950,6 +1062,8 @@ def made(profile):
     script.note("A new device writes a mark.")
     if not profile:
         script.refused(NOT_READY, 0, READY)
+    else:
+        script.asks(0x81, 4, 0, value=2, code=0xFF)
     script.mend(8)
     for number in range(ROUNDS[profile]):
         play_round(script, number)

@@ -26,6 +26,7 @@ import sys
 import tempfile
 from typing import Any, Dict, NamedTuple, Tuple
 
+import parameters
 import plain_host as plain
 from cases import OLD_DIES, lay
 from every_command import big, frame, header, transfer
@@ -146,7 +147,8 @@ class Script:
     def make(self):
         """The whole script."""
         acts: Dict[Any, float] = {
-            self.move: 7, self.flush: 1, self.unmap: 1, self.rpmb: 2, self.query: 1.5, self.manage: 1, self.inform: 1,
+            self.move: 7, self.flush: 1, self.unmap: 1, self.rpmb: 2, self.query: 2.5 if self.profile[0] else 1.5,
+            self.manage: 1, self.inform: 1, self.switch: 0.6 if self.profile[0] else 0.05,
             self.hand_wrong: 0.7, self.fetch: 0.6 if self.profile[0] else 0.1, self.stop: 0.5, self.crowd: 0.5,
             self.verify: 1.0 if self.profile[0] else 0.1, self.compare: 3 if self.profile[0] else 0.05,
             self.tread: 2.5, self.tear: 0.3, self.protect: 0.4, self.look: 1.2 if self.profile[0] else 0.2,
@@ -495,19 +497,57 @@ class Script:
     # Other messages
 
     def query(self):
+        """A query or some, often of what profile 1 has beside the rest, right or with a field that is wrong."""
         usual = ((1, 0, 0, 0, 64, 0), (1, 2, self.random.randrange(len(self.units)), 0, 35, 0), (3, 0, 0, 0, 0, 0),
                  (4, 0, 0, 0, 0, self.random.randrange(3)), (5, self.random.randint(1, 3), 0, 0, 0, 0),
                  (6, self.random.randint(1, 3), 0, 0, 0, 0), (7, 1, 0, 0, 0, 0), (8, 3, 0, 0, 0, 0), (2, 0, 0, 0, 0, 0),
                  (0, 0, 0, 0, 0, 0), (1, 7, 0, 0, 72, 0))
-        fields = list(self.random.choice(usual))
-        if self.chance(0.4):
-            at = self.random.randrange(6)
-            fields[at] = self.random.choice((0, 1, 2, 3, 7, 9, 255, fields[at] + 1))
-        opcode, idn, index, selector, length, value = fields
-        function = (0x01 if opcode in (1, 3, 5) else 0x81) ^ (0x80 * self.chance(0.04))
+        for _ in range(self.random.choice((1, 2, 4, 8)) if self.profile[0] else 1):
+            of_table = self.chance(0.8 if self.profile[0] else 0.3)
+            fields = self.asked() if of_table else list(self.random.choice(usual))
+            if self.chance(0.2 if of_table else 0.4):
+                at = self.random.randrange(6)
+                fields[at] = self.random.choice((0, 1, 2, 3, 7, 9, 15, 16, 0xC4, 255, fields[at] + 1))
+            self.ask_by_query(*fields)
+
+    def asked(self):
+        """The fields of a query of one that the table has, or of an IDN that it may not have."""
+        opcode = self.random.randint(1, 8)
+        kind = parameters.CLASSES[opcode]
+        row, idn = None, self.random.randrange(0x19)
+        if self.chance(0.9):
+            idn, row = self.random.choice([*parameters.rows_of(1, kind).items()])
+        numbers = parameters.indexes_of(row, 1, len(self.units)) if row else [0, 1]
+        selectors = parameters.selectors_of(row) if row else [0, 1]
+        if row and opcode not in row.opcodes and row.opcodes and self.chance(0.6):
+            opcode = self.random.choice(row.opcodes)
+        length = self.random.choice((0xFF, 0xFF, 0xFFFF, 4096, 64, 35, 1, 2, 6, 23, 143, 144)) if opcode == 1 else 0
+        value = self.random.choice((0, 0, 1, 8, 16, 0x100, 1 << 31, parameters.LARGEST, self.random.getrandbits(32)))
+        if row and opcode == 4 and self.chance(0.7):
+            value = self.random.choice((row.least, row.greatest, min(row.greatest + 1, parameters.LARGEST),
+                                        self.random.randint(row.least, row.greatest)))
+        return [opcode, idn, self.random.choice(numbers), self.random.choice(selectors), length, value]
+
+    def ask_by_query(self, opcode, idn, index=0, selector=0, length=0, value=0):
+        """A QUERY REQUEST with these fields, at times of the other function."""
+        function = (0x01 if opcode in parameters.READS else 0x81) ^ (0x80 * self.chance(0.04))
         segment = bytes(8) if opcode == 2 and self.chance(0.3) else b""
         self.send(header(0x16, tag=self.tag(), five=function, segment=len(segment), fields=bytes(
-            [opcode, idn, index, selector & 255, 0, 0]) + big(length, 2) + big(value, 4)) + segment)
+            [opcode & 255, idn & 255, index & 255, selector & 255, 0, 0]) + big(length & 0xFFFF, 2) +
+            big(value & parameters.LARGEST, 4)) + segment)
+
+    def switch(self):
+        """What lasts until the next power cycle is set and told, at times with a reset of the link in between."""
+        settable = ((4, 0x03, 15), (4, 0x0A, 3), (6, 0x04, 0), (7, 0x04, 0), (8, 0x04, 0), (8, 0x04, 0))
+        for _ in range(self.random.randint(1, 4)):
+            opcode, idn, most = self.random.choice(settable)
+            self.ask_by_query(opcode, idn, value=self.random.randint(0, most))
+        if self.chance(0.4):
+            self.send(header(plain.LINK_EVENT, five=self.random.choice((1, 2))))
+        for opcode, idn in self.random.sample(((3, 0x03), (3, 0x0A), (5, 0x04)), 3):
+            self.ask_by_query(opcode, idn)
+        for _ in range(self.random.randint(0, 7)):
+            self.say("reply")
 
     def protect(self):
         """A flag of protection is set, or a protected unit is written."""
@@ -695,7 +735,8 @@ class Script:
                 self.host(header(0x01, plain.TO_HOST, unit, self.tag(), fields=big(4096 * count, 4) + bytes(
                     [plain.READ, 0, *big(at, 4), 0, *big(count, 2)]).ljust(16, b"\0")))
                 self.pump()
-        for opcode, idn in ((3, 0), (5, 2), (5, 3)):
+        told = ((3, 0x03), (3, 0x0A), (5, 0x04)) if self.profile[0] else ()
+        for opcode, idn in ((3, 0), (5, 2), (5, 3), *told):
             self.send(header(0x16, tag=self.tag(), five=0x01, fields=bytes([opcode, idn])))
         for kind in (2, 4) if self.world.plain.key else ():
             self.ask(kind)
@@ -714,7 +755,8 @@ class Counts(collections.Counter):
             if name == "COMMAND":
                 name += f" {NAMES.get(message[16], 'another operation')}"
             elif name == "QUERY":
-                name += f" opcode {min(message[12], 9)}"
+                row = parameters.row_of(1, message[12], message[13])
+                name += f" opcode {min(message[12], 9)}" + (f" {row.name}" if row else "")
             elif name == "TASK REQUEST":
                 name += f" {message[5]:02x}" if message[5] in FUNCTIONS else " another function"
             self[f"sent: {name}"] += 1
@@ -738,8 +780,10 @@ class Counts(collections.Counter):
             return f"{name} of sense {data[34]:x}/{data[44]:02x}/{data[45]:02x}"
         if name == "DATA IN" and data[32:36] == b"\x7f\0\6\2":
             return f"{name} of no unit"
-        if name == "QUERY RESPONSE" and data[6] == 0 and data[12] in (5, 6):
-            return f"{name} of flag {data[13]:02x} value {data[23]}"
+        row = parameters.row_of(1, data[12], data[13])
+        if name == "QUERY RESPONSE" and data[6] == 0 and row:
+            is_flag = parameters.CLASSES[data[12]] == parameters.FLAG
+            return f"{name} of {row.name}" + (f" value {data[23]}" if is_flag else "")
         if name == "RESPONSE" and data[7] == plain.CHECK:
             return f"{name} {data[36]:x}/{data[46]:02x}/{data[47]:02x}"
         if name == "DATA IN" and data[2] == plain.RPMB and plain.number(data, 10, 2) % 512 == 0:

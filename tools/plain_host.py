@@ -10,6 +10,7 @@ import hmac
 import re
 from typing import Any, Callable, Dict, List, NamedTuple, Optional, Tuple
 
+import parameters
 from every_command import big, fixed_sense, frame, header, transfer
 
 BLOCK, ZEROS = 4096, bytes(4096)
@@ -99,6 +100,9 @@ ZERO_BYTES = {0x00: (1, 2, 4, 5, 6, 7, 9, *range(12, 32)), 0x01: (4, 5, 6, 7, 9)
               0x04: (1, 4, 6, 7, 9, 12, 13, 14, 16, 17, 18, *range(20, 32)),
               0x1F: (1, 2, 3, 4, 6, 7, 9, 10, 11, *range(12, 32))}
 LINK_EVENT, HARDWARE = 0x1F, 0x01
+# bActiveICCLevel, bRefClkFreq and fBackgroundOpsEn, as a life begins.
+LEVEL, CLOCK, BACKGROUND = (parameters.TABLE[it].told for it in (
+    (parameters.ATTRIBUTE, 0x03), (parameters.ATTRIBUTE, 0x0A), (parameters.FLAG, 0x04)))
 
 
 def bits_of(code, profile):
@@ -256,6 +260,7 @@ class World:
         self.mended: Any = False
         # fPowerOnWPEn; whether fDeviceInit was set; the LUNs with an attention that no host was told of.
         self.power_on, self.is_asked = 0, False
+        self.level, self.clock, self.background = LEVEL, CLOCK, BACKGROUND
         self.attentions = {*range(len(units)), *WELL_KNOWN}
         self.bad, self.flight, self.rows = set(), {}, {}
         self.open, self.result = {}, None
@@ -365,10 +370,10 @@ class World:
         self.short(message, header(0x20, tag=message[3]))
 
     def reset(self, message):
-        """All that is open ends without an answer, and each LUN has an attention."""
+        """All that is open ends without an answer, and each LUN has an attention. The clock stays as it is."""
         self.open.clear()
         self.result = self.response = None
-        self.is_asked = False
+        self.is_asked, self.level, self.background = False, LEVEL, BACKGROUND
         self.attentions = {*range(len(self.units)), *WELL_KNOWN}
         if message[5] == HARDWARE:
             self.power_on = 0
@@ -394,25 +399,45 @@ class World:
     def query(self, message):
         opcode, idn, index = message[12:15]
         asked, value = number(message, 18, 2), number(message, 20, 4)
-        plain, data, group = self.plain, b"", 0
+        data, group, told = b"", 0, 0
         answer = self.refused_query(message)
-        told = 0
-        if answer == 0 and opcode == 1:
-            data = {0: self.device_descriptor, 2: self.unit_descriptor, 7: self.geometry}[idn](index)[:asked]
-        elif answer == 0 and opcode in (3, 4):
-            told = value if opcode == 4 else plain.boot
-        elif answer == 0 and opcode in (5, 6):
-            told = self.initializing(opcode == 6) if idn == 1 else \
-                1 if opcode == 6 else (plain.permanent, self.power_on)[idn - 2]
-        if answer == 0 and self.is_setting(message):
+        is_passed = answer == 0 and opcode != 0
+        if is_passed and self.is_setting(message):
             group = self.accept(("boot", value) if opcode == 4 else ("permanent", 1), 1)
-        elif answer == 0 and (opcode, idn) == (6, 3):
-            self.power_on = 1
+        elif is_passed:
+            self.changed_by(opcode, idn, value)
+        if is_passed and opcode == 1:
+            device = parameters.Device(self.profile, self.serial, self.units, self.config[3])
+            data = parameters.descriptor(device, idn, index)[:asked]
+        elif is_passed:
+            told = self.value_of(opcode, idn)
         fields = message[12:16] + bytes(2) + big(len(data), 2) + big(told, 4)
         reply = header(0x36, tag=message[3], five=message[5], six=answer, segment=len(data), fields=fields)
         it = self.short(message, reply + data + bytes(-len(data) % 4), group, group)
         # What it is answered if the device locks before.
         it.frames = header(0x36, tag=message[3], five=message[5], six=0xFF, fields=message[12:16])
+
+    def changed_by(self, opcode, idn, value):
+        """What a query that is no setting makes of what lasts until the next power cycle."""
+        if (opcode, idn) == (4, 0x03):
+            self.level = value
+        elif (opcode, idn) == (4, 0x0A):
+            self.clock = value
+        elif (opcode, idn) == (6, 0x03):
+            self.power_on = 1
+        elif opcode > 5 and idn == 0x04:
+            self.background = {6: 1, 7: 0, 8: 1 - self.background}[opcode]
+        elif (opcode, idn) == (6, 0x01):
+            self.initializing(True)
+
+    def value_of(self, opcode, idn):
+        """What an attribute or a flag tells now."""
+        row, kind = parameters.row_of(self.profile, opcode, idn), parameters.CLASSES[opcode]
+        if kind == parameters.ATTRIBUTE:
+            return {0x00: self.plain.boot, 0x03: self.level, 0x0A: self.clock}.get(idn, row.told)
+        if idn == 0x01:
+            return self.initializing(False)
+        return {0x02: self.plain.permanent, 0x03: self.power_on, 0x04: self.background}.get(idn, row.told)
 
     def initializing(self, is_set):
         """What fDeviceInit reads, once it is set if it is: 1 in profile 1 from then on until the device is mended."""
@@ -424,21 +449,24 @@ class World:
 
     @staticmethod
     def is_setting(message):
-        return tuple(message[12:14]) in ((4, 0), (6, 2))
+        return tuple(message[12:14]) in parameters.SETTINGS
 
     def refused_query(self, message):
         """The response of a QUERY REQUEST, by the first line of the table that applies."""
         opcode, idn, index, selector = message[12:16]
-        if opcode > 8 or (opcode and message[5] != (0x01 if opcode in (1, 3, 5) else 0x81)):
+        is_read, value = opcode in parameters.READS, number(message, 20, 4)
+        if opcode > 8 or (opcode and message[5] != (0x01 if is_read else 0x81)):
             return 0xFE
-        known = (0, 2, 7)[:2 + self.profile] if opcode < 3 else (0,) if opcode < 5 else (1, 2, 3)
-        can_write = {2: (), 4: (0,), 6: (1, 2, 3), 7: (), 8: ()}
-        is_unit = opcode < 3 and idn == 2
-        lines = ((opcode == 0, 0), (idn not in known, 0xFD), (index >= len(self.units) if is_unit else index, 0xFC),
-                 (selector, 0xFB), (idn not in can_write.get(opcode, (idn,)), 0xF7),
+        row = parameters.row_of(self.profile, opcode, idn)
+        if row is None:
+            return 0xFD if opcode else 0
+        lines = ((index not in parameters.indexes_of(row, self.profile, len(self.units)), 0xFC),
+                 (selector not in parameters.selectors_of(row), 0xFB),
+                 (opcode not in row.opcodes, 0xF6 if is_read else 0xF7),
                  ((number(message, 18, 2) == 0) == (opcode == 1), 0xF9),
-                 (opcode == 4 and number(message, 20, 4) > 2, 0xFA),
-                 ((opcode, idn) == (6, 2) and self.plain.permanent, 0xF8))
+                 (opcode == 4 and not row.least <= value <= row.greatest, 0xFA),
+                 ((opcode, idn) == parameters.PERMANENT_SET and self.plain.permanent, 0xF8),
+                 ((opcode, idn) == parameters.LOCK_WRITTEN, 0xF8))
         return by_table(lines) or (0xFF if self.is_setting(message) and not self.takes_setting() else 0)
 
     def takes_setting(self):
@@ -448,27 +476,6 @@ class World:
     def knows_mended(self):
         if self.mended is None:
             raise Fork(sets(mended=True), sets(mended=False))
-
-    def device_descriptor(self, _):
-        found = bytearray(64)
-        found[0], found[6], found[7], found[9], found[13], found[16:18] = 0x40, len(self.units), 4, 1, 1, b"\2\x10"
-        found[8] = int(any(unit[1] for unit in self.units))
-        if self.profile:
-            found[4] = 1 - found[8]
-            for at, digits in ((10, "017f"), (14, "01"), (18, "112501020304"), (26, "101020"), (33, "20"), (35, "01"),
-                               (42, "05")):
-                found[at:at + len(digits) // 2] = bytes.fromhex(digits)
-        return bytes(found)
-
-    def geometry(self, _):
-        blocks = sum(unit[0] for unit in self.units)
-        head = bytes([72, 7, 0, 0]) + big(8 * blocks, 8) + b"\0" + big(8, 4) + b"\1" + 6 * b"\x08" + bytes(2)
-        return (head + bytes.fromhex("050000018001")).ljust(72, b"\0")
-
-    def unit_descriptor(self, index):
-        blocks, boot, protect = self.units[index]
-        return bytes([0x23, 2, index, 1, boot, protect, 0, 0, 0, 1, 12]) + big(blocks, 8) + big(1, 4) + b"\3" + \
-            big(blocks, 8) + bytes(3)
 
     # Commands
 

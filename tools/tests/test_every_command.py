@@ -2,6 +2,7 @@
 import unittest
 
 import every_command
+import parameters
 
 # Operation codes of commands in each profile, codes of messages that a host sends, functions of task management, and
 # opcodes of queries.
@@ -10,8 +11,13 @@ MORE_OPERATIONS = OPERATIONS | {0x1A, 0x1D, 0x2F, 0x34, 0x5A, 0x88, 0x8A, 0x90, 
 MESSAGES = {0x00, 0x01, 0x02, 0x04, 0x16}
 FUNCTIONS = {0x01, 0x02, 0x04, 0x08, 0x80, 0x81}
 OPCODES = set(range(9))
-# The descriptors of each profile, and the pages of vital product data and of modes in profile 1.
-DESCRIPTORS = ({0x00, 0x02}, {0x00, 0x02, 0x07})
+# The descriptors of each profile, how long each of profile 1 is, and its attributes and flags; response codes.
+DESCRIPTORS = ({0x00, 0x02}, {0x00, 0x01, 0x02, 0x04, 0x05, 0x07, 0x08})
+LENGTHS = {0x00: {64}, 0x01: {144}, 0x02: {35}, 0x04: {6}, 0x05: {10, 18, 34}, 0x07: {72}, 0x08: {98}}
+ATTRIBUTES = {0x00, 0x02, 0x03, 0x04, 0x06, 0x07, 0x08, 0x09, 0x0A, 0x0B, 0x0F, 0x10, 0x14, 0x15, 0x16}
+FLAGS = {0x01, 0x02, 0x03, 0x04, 0x05, 0x06, 0x08, 0x09, 0x0B}
+CODES = {0x00, *range(0xF6, 0x100)}
+# The pages of vital product data and of modes in profile 1.
 VITAL_PAGES = {0x00, 0x80, 0x83, 0x87, 0xB0, 0xB1, 0xB2}
 MODE_PAGES = {0x01, 0x08, 0x0A, 0x3F}
 LEAST = 1000
@@ -92,8 +98,56 @@ class EveryCommand(unittest.TestCase):
         self.assertLessEqual({(0x0E, 0x1D, 0x00), (0x05, 0x24, 0x00), (0x05, 0x21, 0x00)}, sense)
         self.assertIn(0x00, {it[7] for it in answers})
 
+    def answers(self):
+        """The QUERY RESPONSEs of profile 1."""
+        return [it for it in self.told() if it[0] == 0x36]
+
+    def test_each_query_of_profile_1_is_there_and_each_answer(self):
+        asked = {(it[12], it[13]) for it in self.heard(1) if it[0] == 0x16}
+        kinds = (((1, 2), DESCRIPTORS[1]), ((3, 4), ATTRIBUTES), ((5, 6, 7, 8), FLAGS))
+        wanted = {(opcode, idn) for opcodes, idns in kinds for opcode in opcodes for idn in idns}
+        self.assertLessEqual(wanted, asked)
+        self.assertEqual(CODES, {it[6] for it in self.answers()})
+        for code in CODES - {0x00, 0xF6, 0xF8, 0xFA, 0xFF}:
+            opcodes = {it[12] for it in self.answers() if it[6] == code}
+            self.assertLessEqual({2, 4, 6, 7, 8} if code == 0xF7 else {1, 3}, opcodes, f"{code:02x}")
+
+    def test_each_descriptor_of_profile_1_is_told_whole_and_in_part(self):
+        told = [it for it in self.answers() if it[12] == 1 and it[6] == 0]
+        for idn, lengths in LENGTHS.items():
+            with self.subTest(idn=idn):
+                found = {it[32:32 + int.from_bytes(it[18:20], "big")] for it in told if it[13] == idn}
+                whole = {it for it in found if len(it) == it[0]}
+                self.assertEqual(lengths, {len(it) for it in whole})
+                self.assertEqual({2}, {len(it) for it in found - whole} & {2})
+        indexes = {(it[13], it[14]) for it in told}
+        self.assertLessEqual({(2, it) for it in (*range(8), 0xC4)} | {(5, it) for it in range(1, 6)}, indexes)
+
+    def test_each_value_of_profile_1_is_told(self):
+        told = {(it[12], it[13], int.from_bytes(it[20:24], "big")) for it in self.answers() if it[6] == 0}
+        values = {0x00: {0, 1, 2}, 0x02: {0x11}, 0x03: {0, 9, 15}, 0x07: {8}, 0x08: {8}, 0x0A: {0, 1, 2, 3}, 0x0B: {1}}
+        for idn in ATTRIBUTES - {0x0F}:
+            with self.subTest(idn=idn):
+                found = {value for opcode, its, value in told if opcode in (3, 4) and its == idn}
+                self.assertEqual(values.get(idn, {0}), found)
+        self.assertLessEqual({(5, 4, 0), (5, 4, 1), (6, 4, 1), (7, 4, 0), (8, 4, 0), (8, 4, 1)}, told)
+        for idn in (0x05, 0x08, 0x09, 0x0B):
+            self.assertEqual({0}, {value for opcode, its, value in told if opcode in (5, 7) and its == idn})
+
+    def test_a_reset_of_the_link_keeps_the_clock(self):
+        self.assertEqual({0x01, 0x02}, {it[5] for it in self.heard(1) if it[0] == 0x1F})
+        lines, heard = [it for it in self.scripts[1].lines if it and it[0] not in "#cup"], self.scripts[1].printed
+        reset = next(at for at, line in enumerate(lines) if line.startswith("host 1f"))
+        told = [bytes.fromhex(it.split()[1]) for it in heard[reset + 1:reset + 9] if it.startswith("reply")]
+        self.assertEqual([(3, 0x03, 0), (3, 0x0A, 3), (5, 0x04, 1)], [(it[12], it[13], it[23]) for it in told[:3]])
+
+    def test_the_table_has_what_is_asked_for(self):
+        kinds = ((parameters.DESCRIPTOR, DESCRIPTORS[1]), (parameters.ATTRIBUTE, ATTRIBUTES), (parameters.FLAG, FLAGS))
+        for kind, idns in kinds:
+            self.assertEqual(idns, set(parameters.rows_of(1, kind)))
+
     def test_the_device_is_initialized_until_it_is_mended(self):
-        values = {(it[12], it[23]) for it in self.told() if it[0] == 0x36 and it[6] == 0 and it[13] == 1}
+        values = {(it[12], it[23]) for it in self.answers() if it[12] in (5, 6) and it[6] == 0 and it[13] == 1}
         self.assertEqual({(5, 0), (5, 1), (6, 0), (6, 1)}, values)
 
 

@@ -4,6 +4,7 @@ import unittest
 from unittest import mock
 
 import fuzz
+import parameters
 import plain_host
 from crates import ROOT
 
@@ -15,6 +16,13 @@ WRONG_RULES = {"has_attention": lambda world, lun: lun in world.attentions and l
 # The same of VERIFY.
 WRONG_NAMES_OF_VERIFY = {"MISCOMPARE": plain_host.READ_ERROR, "COMPARED": 0x00}
 WRONG_RULES_OF_VERIFY = {"compare": lambda world, it, block: it.end()}
+# The same of queries: a row in the place of another, or another rule.
+WRONG_ROWS = {("attribute", 0x02): {"opcodes": (3, 4)}, ("attribute", 0x03): {"greatest": 16},
+              ("attribute", 0x09): {"indexes": 0}, ("attribute", 0x0A): {"greatest": 2},
+              ("attribute", 0x10): {"indexes": 1}, ("attribute", 0x0F): {"opcodes": (3, 4)},
+              ("flag", 0x05): {"opcodes": (5, 6, 7)}, ("descriptor", 0x05): {"indexes": 0}}
+WRONG_RULES_OF_QUERIES = {"changed_by": lambda world, opcode, idn, value: None,
+                          "value_of": lambda world, opcode, idn: 0}
 EXAMPLES = ("abort", "boot_setting", "every_command", "every_command_1", "failing_block", "flush", "gap",
             "link_event", "linux_host", "many_tasks", "profile_0", "profile_1", "read_before_write", "rpmb_counter",
             "stop_in_group", "stop_in_write", "unmap", "write_read")
@@ -78,6 +86,23 @@ class Fuzz(unittest.TestCase):
         for place, name, value in [*wrong, *[(plain_host.World, *it) for it in WRONG_RULES_OF_VERIFY.items()]]:
             with self.subTest(name), mock.patch.object(place, name, value):
                 self.assertIsNotNone(fuzz.judged(lines, text, "", 0))
+
+    def test_a_wrong_rule_of_queries_is_told(self):
+        lines, text = example("every_command_1")
+        for name, rule in WRONG_RULES_OF_QUERIES.items():
+            with self.subTest(name), mock.patch.object(plain_host.World, name, rule):
+                self.assertIsNotNone(fuzz.judged(lines, text, "", 0))
+        for place, changes in WRONG_ROWS.items():
+            row = parameters.TABLE[place]._replace(**changes)
+            with self.subTest(place), mock.patch.dict(parameters.TABLE, {place: row}):
+                self.assertIsNotNone(fuzz.judged(lines, text, "", 0))
+
+    def test_queries_of_each_row_are_made(self):
+        script = fuzz.Script(3, 1)
+        script.profile = (1, 1)
+        made = {tuple(script.asked()[:2]) for _ in range(6000)}
+        for kind, idn in parameters.TABLE:
+            self.assertLessEqual({(opcode, idn) for opcode, its in parameters.CLASSES.items() if its == kind}, made)
 
     def test_most_lives_of_profile_1_begin_without_attentions(self):
         scripts = [fuzz.Script(5, it) for it in range(30)]
