@@ -13,6 +13,7 @@ from . import library as lib
 from . import messages
 from .errors import Busy, CheckCondition, NoAnswer, PowerCut, QueryError, TaskSetFull, UfsError
 from .messages import Code, Opcode, Reply
+from .queries import Attributes, Descriptors, Flags
 from .rpmb import Rpmb
 from .unit import Unit
 
@@ -125,6 +126,12 @@ class Device:
         rows = [UnitNumbers(it) if isinstance(it, int) else UnitNumbers(*it) for it in units]
         self.units: Tuple[Unit, ...] = tuple(Unit(self, number, row.blocks) for number, row in enumerate(rows))
         """The units of the configuration, in their order."""
+        self.attributes = Attributes(self)
+        """The attributes, by their names."""
+        self.flags = Flags(self)
+        """The flags, by their names."""
+        self.descriptors = Descriptors(self)
+        """The descriptors, by their names."""
         self._open(config_row(dies, blocks, pages, rpmb, slots, spare, profile, serial), rows, image)
         if mend:
             self._make_ready_or_close()
@@ -355,13 +362,15 @@ class Device:
 
     # Settings
 
-    def read_attribute(self, attribute: int) -> int:
-        """The value of an attribute."""
-        return self._query(Opcode.READ_ATTRIBUTE, attribute).count
+    def read_attribute(self, attribute: int, index: int = 0, selector: int = 0) -> int:
+        """The value of an attribute. Of one that each unit has, the index is the unit's number."""
+        reply = self._query(Opcode.READ_ATTRIBUTE, attribute, index=index, selector=selector)
+        return reply.count
 
-    def write_attribute(self, attribute: int, value: int) -> None:
-        """Writes an attribute, and waits until it is durable."""
-        self._query(Opcode.WRITE_ATTRIBUTE, attribute, value=value)
+    def write_attribute(self, attribute: int, value: int, index: int = 0,
+                        selector: int = 0) -> None:
+        """Writes an attribute. bBootLunEn is durable then."""
+        self._query(Opcode.WRITE_ATTRIBUTE, attribute, index=index, selector=selector, value=value)
 
     def read_flag(self, flag: int) -> bool:
         """Whether a flag is set."""
@@ -371,13 +380,23 @@ class Device:
         """Sets a flag. fPermanentWPEn is durable then, and stays set for ever."""
         self._query(Opcode.SET_FLAG, flag)
 
+    def clear_flag(self, flag: int) -> None:
+        """Clears a flag."""
+        self._query(Opcode.CLEAR_FLAG, flag)
+
+    def toggle_flag(self, flag: int) -> bool:
+        """Turns a flag over, and says whether it is set then."""
+        return self._query(Opcode.TOGGLE_FLAG, flag).count != 0
+
     def read_descriptor(self, descriptor: int, index: int = 0, length: int = 0xFF) -> bytes:
         """A descriptor, or its first bytes."""
         return self._query(Opcode.READ_DESCRIPTOR, descriptor, index=index, length=length).data
 
-    def _query(self, opcode: int, idn: int, *, index: int = 0, length: int = 0, value: int = 0) -> Reply:
+    def _query(self, opcode: int, idn: int, *, index: int = 0, selector: int = 0, length: int = 0,
+               value: int = 0) -> Reply:
         tag = self._tag()
-        self.host(messages.query(tag, opcode, idn, index=index, length=length, value=value))
+        self.host(messages.query(tag, opcode, idn, index=index, selector=selector, length=length,
+                                 value=value))
         reply = self._hear(tag)
         if reply.response:
             raise QueryError(reply.response)

@@ -76,12 +76,28 @@ class NoAnswer(Refusal):
     """The dies worked for many rounds, and no answer came: as where a device is nearly full."""
 
 
-class QueryError(Refusal):
-    """A query was refused. `response` is the response code, F6h to FFh."""
+# The names of the standard for the response codes of a refused query (JESD220, 10.7.9).
+QUERY_RESPONSES: Dict[int, str] = {
+    0xF6: "parameter not readable", 0xF7: "parameter not writeable",
+    0xF8: "parameter already written", 0xF9: "invalid LENGTH", 0xFA: "invalid value",
+    0xFB: "invalid SELECTOR", 0xFC: "invalid INDEX", 0xFD: "invalid IDN",
+    0xFE: "invalid OPCODE", 0xFF: "general failure"}
 
-    def __init__(self, response: int) -> None:
-        super().__init__(f"query response {response:02X}h")
+
+class QueryError(Refusal):
+    """A query was refused.
+
+    `response` is the response code, F6h to FFh, and `response_name` its name in the standard.
+    `parameter` is the name of what was asked for, if it was asked for by its name, and else empty.
+    """
+
+    def __init__(self, response: int, parameter: str = "") -> None:
+        name = QUERY_RESPONSES.get(response, "unknown")
+        asked = f"{parameter}: " if parameter else ""
+        super().__init__(f"{asked}query response {response:02X}h: {name}")
         self.response = response
+        self.response_name = name
+        self.parameter = parameter
 
 
 RPMB_RESULTS: Dict[int, str] = {

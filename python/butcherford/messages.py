@@ -52,6 +52,11 @@ class Opcode(enum.IntEnum):
     WRITE_ATTRIBUTE = 0x04
     READ_FLAG = 0x05
     SET_FLAG = 0x06
+    CLEAR_FLAG = 0x07
+    TOGGLE_FLAG = 0x08
+
+
+WRITING = (Opcode.WRITE_ATTRIBUTE, Opcode.SET_FLAG, Opcode.CLEAR_FLAG, Opcode.TOGGLE_FLAG)
 
 
 @dataclass(frozen=True)
@@ -95,11 +100,12 @@ def data_out(lun: int, tag: int, offset: int, data: bytes) -> bytes:
     return header(Code.DATA_OUT, lun, tag, fields, segment=len(data)) + data + bytes(-len(data) % 4)
 
 
-def query(tag: int, opcode: int, idn: int, *, index: int = 0, length: int = 0, value: int = 0) -> bytes:
+def query(tag: int, opcode: int, idn: int, *, index: int = 0, selector: int = 0, length: int = 0,
+          value: int = 0) -> bytes:
     """A QUERY REQUEST."""
-    writes = opcode in (Opcode.WRITE_ATTRIBUTE, Opcode.SET_FLAG)
-    fields = bytes([opcode, idn, index, 0, 0, 0]) + big(length, 2) + big(value, 4)
-    return header(Code.QUERY_REQUEST, 0, tag, fields, function=WRITES if writes else READS)
+    fields = bytes([opcode, idn, index, selector, 0, 0]) + big(length, 2) + big(value, 4)
+    function = WRITES if opcode in WRITING else READS
+    return header(Code.QUERY_REQUEST, 0, tag, fields, function=function)
 
 
 def link_event(reset: Reset) -> bytes:

@@ -116,7 +116,7 @@ def test_no_answer(device, monkeypatch):
 
 
 @pytest.mark.parametrize("response, query", [
-    (0xFD, lambda it: it.read_attribute(1)), (0xFC, lambda it: it.read_descriptor(2, index=1)),
+    (0xFD, lambda it: it.read_attribute(1)), (0xFC, lambda it: it.read_descriptor(2, index=8)),
     (0xF9, lambda it: it.read_descriptor(0, length=0)), (0xFA, lambda it: it.write_attribute(0, 3))])
 def test_query_error(response, query, device):
     with pytest.raises(butcherford.QueryError) as told:

@@ -63,13 +63,18 @@ def test_security_commands_of_guide():
 
 
 def test_queries():
-    """Byte 5 is the function; 12 opcode, 13 IDN, 14 index; 18 and 19 length; 20 to 23 value."""
+    """Byte 5 is the function; 12 opcode, 13 IDN, 14 index, 15 selector; 18 and 19 length; 20 to 23 value."""
     read = messages.query(3, Opcode.READ_DESCRIPTOR, 2, index=1, length=35)
     assert read.hex() == "16000003" "00010000" "00000000" "01020100" "00000023" "00000000" "0000000000000000"
     write = messages.query(4, Opcode.WRITE_ATTRIBUTE, 0, value=2)
     assert write.hex() == "16000004" "00810000" "00000000" "04000000" "00000000" "00000002" "0000000000000000"
-    assert messages.query(5, Opcode.SET_FLAG, 3)[5] == 0x81
-    assert messages.query(6, Opcode.READ_FLAG, 3)[5] == 0x01
+    context = messages.query(4, Opcode.WRITE_ATTRIBUTE, 0x10, index=1, selector=0x0F, value=2)
+    assert context.hex() == "16000004" "00810000" "00000000" "0410010f" "00000000" "00000002" "0000000000000000"
+    for opcode, function in ((Opcode.READ_FLAG, 0x01), (Opcode.SET_FLAG, 0x81), (Opcode.CLEAR_FLAG, 0x81),
+                             (Opcode.TOGGLE_FLAG, 0x81)):
+        told = messages.query(5, opcode, 3)
+        assert (told[5], told[12], told[13]) == (function, opcode, 3)
+    assert (Opcode.CLEAR_FLAG, Opcode.TOGGLE_FLAG) == (7, 8)
 
 
 def test_reply_fields():
